@@ -2,7 +2,7 @@
 
 _racp() {
     local word=${COMP_WORDS[COMP_CWORD]} before=${COMP_WORDS[COMP_CWORD - 1]} command=${COMP_WORDS[1]}
-    local commands="cpm plan prove check verify show report export curve whatif order batch import explain help"
+    local commands="cpm plan prove check verify show report export curve soonest whatif order batch import explain help"
     local options=""
     if [ "$COMP_CWORD" -eq 1 ]; then
         mapfile -t COMPREPLY < <(compgen -W "$commands --help --version" -- "$word")
@@ -18,6 +18,7 @@ _racp() {
         report) options="--names --curve --whatif --proof --calendar --start-date --workdays --unit --explain --quiet" ;;
         export) options="--to --calendar --names --explain --quiet" ;;
         curve) options="--workers --turns --memory --time-limit --progress --best --svg --calendar --json --explain --quiet" ;;
+        soonest) options="--workers --turns --memory --time-limit --json --explain --quiet" ;;
         whatif) options="--names --workers --turns --memory --time-limit --calendar --json --explain --quiet" ;;
         order) options="--names --factor --deadline --prices --owned --ceiling --calendar --json --explain --quiet" ;;
         batch) options="--factors --price --time-limit --memory --jobs --out --calendar --quiet" ;;
@@ -35,7 +36,7 @@ _racp() {
     case $before in
         --workers | --turns | --memory | --time-limit | --width) return ;;
         --factor | --deadline | --prices | --owned | --ceiling | --from | --date-format) return ;;
-        --to) mapfile -t COMPREPLY < <(compgen -W "ics csv md" -- "$word"); return ;;
+        --to) mapfile -t COMPREPLY < <(compgen -W "ics csv md mspdi tjp" -- "$word"); return ;;
     esac
     if [[ $word == -* ]]; then
         mapfile -t COMPREPLY < <(compgen -W "$options --help" -- "$word")

@@ -1,6 +1,6 @@
 # Completions of racp for fish: put this file into ~/.config/fish/completions.
 
-set -l commands cpm plan prove check verify show report export curve whatif order batch import explain help
+set -l commands cpm plan prove check verify show report export curve soonest whatif order batch import explain help
 set -l none "not __fish_seen_subcommand_from $commands"
 complete -c racp -n "$none" -a cpm -d "the critical length and the early starts of a network"
 complete -c racp -n "$none" -a plan -d "the cheapest capacities that meet an order, with the least starts"
@@ -11,6 +11,7 @@ complete -c racp -n "$none" -a show -d "a chart of a plan"
 complete -c racp -n "$none" -a report -d "a page about a plan"
 complete -c racp -n "$none" -a export -d "a plan for other programs"
 complete -c racp -n "$none" -a curve -d "what each deadline costs"
+complete -c racp -n "$none" -a soonest -d "how soon, with the units that there are"
 complete -c racp -n "$none" -a whatif -d "what one unit fewer or more changes"
 complete -c racp -n "$none" -a order -d "the text of an order"
 complete -c racp -n "$none" -a batch -d "a table of what networks cost"
@@ -52,7 +53,7 @@ complete -c racp -n "__fish_seen_subcommand_from report" -l workdays -r -f -a "m
 complete -c racp -n "__fish_seen_subcommand_from report" -l unit -r -f -a "day week" -d "how long a time unit is"
 complete -c racp -n "__fish_seen_subcommand_from report" -l explain -d "say what is wrong"
 complete -c racp -n "__fish_seen_subcommand_from report" -l quiet -d "say nothing of what is wrong"
-complete -c racp -n "__fish_seen_subcommand_from export" -l to -r -f -a "ics csv md" -d "the format"
+complete -c racp -n "__fish_seen_subcommand_from export" -l to -r -f -a "ics csv md mspdi tjp" -d "the format"
 complete -c racp -n "__fish_seen_subcommand_from export" -l calendar -r -d "working days and holidays"
 complete -c racp -n "__fish_seen_subcommand_from export" -l names -r -d "names of jobs and resources"
 complete -c racp -n "__fish_seen_subcommand_from export" -l explain -d "say what is wrong"
@@ -62,6 +63,13 @@ complete -c racp -n "__fish_seen_subcommand_from curve" -l turns -x -d "how many
 complete -c racp -n "__fish_seen_subcommand_from curve" -l memory -x -d "mebibytes for records"
 complete -c racp -n "__fish_seen_subcommand_from curve" -l svg -d "a picture"
 complete -c racp -n "__fish_seen_subcommand_from curve" -l calendar -r -d "working days and holidays"
+complete -c racp -n "__fish_seen_subcommand_from soonest" -l workers -x -d "how many workers"
+complete -c racp -n "__fish_seen_subcommand_from soonest" -l turns -x -d "how many turns"
+complete -c racp -n "__fish_seen_subcommand_from soonest" -l memory -x -d "mebibytes for records"
+complete -c racp -n "__fish_seen_subcommand_from soonest" -l time-limit -x -d seconds
+complete -c racp -n "__fish_seen_subcommand_from soonest" -l json -d JSON
+complete -c racp -n "__fish_seen_subcommand_from soonest" -l explain -d "say what is wrong"
+complete -c racp -n "__fish_seen_subcommand_from soonest" -l quiet -d "say nothing of what is wrong"
 complete -c racp -n "__fish_seen_subcommand_from whatif" -l names -r -d "names of jobs and resources"
 complete -c racp -n "__fish_seen_subcommand_from whatif" -l workers -x -d "how many workers"
 complete -c racp -n "__fish_seen_subcommand_from whatif" -l turns -x -d "how many turns"

@@ -58,25 +58,20 @@ def curve(network: Network, order: Order | None = None, *, time_limit: float | N
 
 def soonest(network: Network, team: Values, *, release: Values | None = None, due: Values | None = None,
             time_limit: float | None = None, workers: int | None = None) -> Plan:
-    """The plan that ends the project, of up to 511 jobs, as soon as a team can: so many units of each resource, at no cost. Its
-    deadline is that end. If it is not `optimal`, the limit of time came, which counts anew for the starts, and the team may end
-    sooner. Raises `Impossible` if it cannot do a job, or all that is due, and `Stopped` if nothing is known.
+    """The plan that ends the project as soon as a team can: so many units of each resource, at no cost. Its deadline is that
+    end. If it is not `optimal`, the limit of time came, which counts anew for this plan, and the team may end sooner. Raises
+    `Impossible` if it cannot do a job, or all that is due, and `Stopped` if nothing is known.
 
     >>> soonest(Network.from_lists([4, 6], needs=[[1], [1]], after=[[], []]), team=[1]).order.deadline
     10"""
-    # One job more comes after all others, and needs the whole team for a time unit. So only these units come into question, and
-    # the first line of the curve is known soon.
-    team = keyed(network.resources, team, "team")
-    longer = Network(network.resources, network.jobs)
-    longer.add(object(), 1, needs={key: min(units, 10_000) for key, units in team.items()}, after=network.jobs)
-    order = Order(MOST, dict.fromkeys(team, 0), ceiling=team, release=keyed(network.jobs, release, "release", 0),
-                  due=keyed(network.jobs, due, "due", MOST))
-    steps = curve(longer, order, time_limit=time_limit, workers=workers)
-    if not steps.steps:
-        raise Stopped({"status": "stopped", "says": "no time is known by which the team can end"})
-    found = plan(longer, order, deadline=steps.steps[0].deadline, time_limit=time_limit, workers=workers)
-    order = replace(order, deadline=found.order.deadline - 1, release=release, due=due)
-    return replace(check(network, order, [*found.starts.values()][:-1]), optimal=steps.complete)
+    network, team = Network(network.resources, network.jobs), keyed(network.resources, team, "team")
+    order = Order(MOST, dict.fromkeys(team, 0), ceiling=team, release=release, due=due)
+    answer = _ask(network, "soonest", order, time_limit=time_limit, workers=workers)
+    if "least" not in answer:
+        return _plan(network, replace(order, deadline=answer["deadline"]), {**answer, "bound": 0})
+    if answer["known"] is None:
+        raise Stopped({**answer, "says": "no time is known by which the team can end"})
+    return replace(plan(network, order, deadline=answer["known"], time_limit=time_limit, workers=workers), optimal=False)
 
 
 def whatif(plan: Plan, *, time_limit: float | None = None, workers: int | None = None) -> Changes:

@@ -1,6 +1,5 @@
 """Plans, curves, changes, teams, checks, certificates and tables of networks."""
 
-import dataclasses
 import pickle
 import random
 import unittest
@@ -103,11 +102,15 @@ class Curves(unittest.TestCase):
         self.assertTrue(racp.soonest(network, [14, 14, 14], time_limit=4).optimal)
 
     def test_team_that_may_end_sooner(self):
-        def cut(*words, **terms):
-            return dataclasses.replace(racp.curve(*words, **terms), complete=False)
+        ask = racp._commands._ask
 
-        with unittest.mock.patch("racp._commands.curve", cut):
-            self.assertFalse(racp.soonest(house(), [5, 1]).optimal)
+        def stopped(network, command, *words, **terms):
+            told = {"status": "stopped", "least": 9, "known": 12}
+            return told if command == "soonest" else ask(network, command, *words, **terms)
+
+        with unittest.mock.patch("racp._commands._ask", stopped):
+            plan = racp.soonest(house(), [5, 1])
+        self.assertEqual((plan.optimal, plan.order.deadline), (False, 12))
 
     def test_teams_that_cannot(self):
         with self.assertRaises(racp.Impossible) as caught:

@@ -46,6 +46,7 @@ FORMS = {
     "verify": {**CHECKED, 0: f"verified\n|at least {NUMBER}\n", 4: "stopped\n", 8: f"unproved\n|{FAULT}"},
     "show": {**CHECKED, 0: None},
     "curve": {**PLANNED, 0: rf"(?:{STEP})+end\n", 4: f"(?:{STEP})*{STOPPED}"},
+    "soonest": {**PLANNED, 0: PLAN_TEXT, 4: rf"stopped deadline {NUMBER}(?: to {NUMBER})?\n"},
     "order": {**READ, 0: None},
 }
 

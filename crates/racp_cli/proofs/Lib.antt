@@ -6,6 +6,7 @@ mod Planning
 mod Statuses
 mod Telling
 mod Ending
+mod Hastening
 mod Verifying
 mod Asking
 mod Begun

@@ -15,4 +15,5 @@ pub mod CurveAnswers
 pub mod ReportAnswers
 pub mod ShowAnswers
 pub mod ExportAnswers
+pub mod SoonestAnswers
 pub mod WhatIfAnswers

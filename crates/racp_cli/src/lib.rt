@@ -49,7 +49,7 @@
 //!
 //! In `specs/`, an answer is a value, with the text and the status that stand for it. `IsCpmAnswer`, `IsPlanAnswer`,
 //! `IsCrowdAnswer`, `IsProofAnswer`, `IsClauseProofAnswer`, `IsCheckAnswer`, `IsVerifyAnswer`, `IsVerifyAnswerUntil`, `IsBoundAnswer`,
-//! `IsShowAnswer`, `IsReportAnswer`, `IsExportAnswer`, `IsCurveAnswer`, `IsCurveCrowdAnswer`, `IsWhatIfAnswer` and `IsOrderAnswer` say when text and status are right for the
+//! `IsShowAnswer`, `IsReportAnswer`, `IsExportAnswer`, `IsCurveAnswer`, `IsCurveCrowdAnswer`, `IsSoonestAnswer`, `IsWhatIfAnswer` and `IsOrderAnswer` say when text and status are right for the
 //! bytes of one to four inputs, and `IsRun` ties answers to what the readers had and what the writer holds, for all
 //! commands.
 //!
@@ -86,6 +86,7 @@ mod report_claim;
 mod report_page;
 mod respond;
 mod show;
+mod soonest;
 mod status;
 mod texts;
 mod verdict;
@@ -107,6 +108,7 @@ pub use prove_by_clauses::prove_by_clauses_over;
 pub use racp_streams::StreamFault;
 pub use report::{Page, report_over};
 pub use show::{Look, show_over};
+pub use soonest::soonest_to;
 pub use status::{CHECK_FAILED, DONE, IMPOSSIBLE, OUT_OF_MEMORY, REFUSED, STOPPED, STREAM_FAILED};
 pub use verify::{Certificate, verify_over, verify_over_until};
 pub use verify_bound::verify_bound_over;

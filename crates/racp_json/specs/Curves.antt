@@ -1,5 +1,5 @@
--- What the lines of a curve and of early starts say.
-use Rattle.std.specs.Prelude.{◌≡◌, ℕ, List, [], map, drop, codes, slice_index_or}
+-- What the lines of a curve, of a least deadline and of early starts say.
+use Rattle.std.specs.Prelude.{◌≡◌, ℕ, List, [], Option, Some, None, length, map, drop, codes, slice_index_or, nat_lt, if◌then◌else◌}
 use Rattle.racp_json.specs.Lines.{number_at, rows_in}
 use Rattle.racp_json.specs.declared.curve.Step.{Step}
 use Rattle.racp_json.specs.declared.early.Early.{Early}
@@ -20,3 +20,7 @@ AreStepsIn text steps = map row_of steps ≡ map step_in (rows_in (codes "deadli
 pub record IsEarlyIn (text : List ℕ) (early : Early) : Type 0 where
   pub critical_is : early.critical ≡ number_at 0 (slice_index_or (rows_in (codes "critical") text) 0 [])
   pub starts_are : early.starts.items ≡ map (number_at 1) (rows_in (codes "start") text)
+
+-- the second of some numbers, if there is one
+abbrev pub known_in : List ℕ → Option ℕ
+known_in numbers = if nat_lt 1 (length numbers) then Some (number_at 1 numbers) else None

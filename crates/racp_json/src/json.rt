@@ -3,9 +3,11 @@
 use crate::curve::{Step, steps_of};
 use crate::early::{Early, early_of};
 use crate::fault::{fault_of, refusal_of};
+use crate::hastened::sheet_of_soonest;
 use crate::line::{line_of, rows_of};
 use crate::order::{Terms, terms_of};
 use crate::sheet::sheet_of_plan;
+use crate::span::span_of;
 use crate::stop::stop_of;
 use crate::told::{Command, Told, Words};
 use crate::work::Work;
@@ -118,7 +120,7 @@ fn faulty(
 fn done(alloc: Global, told: &Told<'_>, text: &str) -> Result<String, AllocError> {
     match told.command {
         Command::Cpm => early(alloc, text),
-        Command::Plan => plan(alloc, told),
+        Command::Plan | Command::Soonest => plan(alloc, told),
         Command::Check | Command::Verify => word(alloc, text),
         Command::Bound => bound(alloc, text),
         Command::Curve => curve(alloc, told, text, "done", None),
@@ -131,6 +133,7 @@ fn stopped(alloc: Global, told: &Told<'_>, text: &str) -> Result<String, AllocEr
     match told.command {
         Command::Plan => stopped_plan(alloc, told, first_row(alloc, text)?),
         Command::Curve => curve(alloc, told, text, "stopped", Some(first_row(alloc, text)?)),
+        Command::Soonest => written(alloc, &span_of(alloc, first_line(text), told.work)?),
         _ => word(alloc, text),
     }
 }
@@ -163,14 +166,25 @@ fn early(alloc: Global, text: &str) -> Result<String, AllocError> {
 /// The object of a plan.
 fn plan(alloc: Global, told: &Told<'_>) -> Result<String, AllocError> {
     let names = Names::none(alloc);
-    match sheet_of_plan(
-        alloc,
-        told.net,
-        told.order,
-        told.text,
-        &names,
-        told.calendar,
-    )? {
+    let sheet = match told.command {
+        Command::Soonest => sheet_of_soonest(
+            alloc,
+            told.net,
+            told.order,
+            told.text,
+            &names,
+            told.calendar,
+        ),
+        _ => sheet_of_plan(
+            alloc,
+            told.net,
+            told.order,
+            told.text,
+            &names,
+            told.calendar,
+        ),
+    };
+    match sheet? {
         Some(plan) => {
             let answer = PlanAnswer {
                 status: "optimal",

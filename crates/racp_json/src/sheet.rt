@@ -43,7 +43,7 @@ pub fn sheet_of_plan<'a>(
 }
 
 /// The sheet of a plan with these names; `None` if it has a fault.
-fn fitting_sheet<'a>(
+pub(crate) fn fitting_sheet<'a>(
     alloc: Global,
     net: &Network,
     order: &Order,

@@ -18,6 +18,8 @@ pub enum Command {
     Bound,
     /// What each deadline costs.
     Curve,
+    /// The plan with the least deadline.
+    Soonest,
     /// The text of an order.
     Order,
 }

@@ -18,7 +18,7 @@ use Rattle.racp_words.specs.declared.request.CrewOptions.{CrewOptions}
 use Rattle.racp_words.specs.declared.request.Request.{Request}
 use Rattle.racp_words.specs.declared.request.Request.TheVariants.{Cpm, Plan, Prove, Check, Verify, VerifyBound, Tool}
 use Rattle.racp_words.specs.declared.request.Tool as declared
-use Rattle.racp_words.specs.declared.request.Tool.TheVariants.{Show, Report, Export, Curve, WhatIf, Order, Batch, Import, Explain}
+use Rattle.racp_words.specs.declared.request.Tool.TheVariants.{Show, Report, Export, Curve, Soonest, WhatIf, Order, Batch, Import, Explain}
 
 -- the command that is named, and the word for its network
 with_network : Option (Text × List Row) → Option (Text × Option Text)
@@ -60,16 +60,17 @@ cpm_word name (first ∷ rest) plain = by_first (first == 45) refl
 
 -- a tool has another name than the other commands
 by_name : (command : Text × List Row) (tool : declared.Tool) (name : Text) → command.0 ≡ name → IsToolOf command tool →
-    (name ≡ codes "show" → ⊥) → (name ≡ codes "report" → ⊥) → (name ≡ codes "export" → ⊥) → (name ≡ codes "curve" → ⊥) → (name ≡ codes "whatif" → ⊥) → (name ≡ codes "order" → ⊥) → (name ≡ codes "batch" → ⊥) → (name ≡ codes "import" → ⊥) → (name ≡ codes "explain" → ⊥) → ⊥
-by_name command (Show files look) name is asked no_show no_report no_export no_curve no_whatif no_order no_batch no_import no_explain = no_show (sym is ∙ asked.0)
-by_name command (Report files options) name is asked no_show no_report no_export no_curve no_whatif no_order no_batch no_import no_explain = no_report (sym is ∙ asked.0)
-by_name command (Export files options) name is asked no_show no_report no_export no_curve no_whatif no_order no_batch no_import no_explain = no_export (sym is ∙ asked.0)
-by_name command (Curve files memory workers is_drawn) name is asked no_show no_report no_export no_curve no_whatif no_order no_batch no_import no_explain = no_curve (sym is ∙ asked.0)
-by_name command (WhatIf files options memory workers) name is asked no_show no_report no_export no_curve no_whatif no_order no_batch no_import no_explain = no_whatif (sym is ∙ asked.0)
-by_name command (Order files terms) name is asked no_show no_report no_export no_curve no_whatif no_order no_batch no_import no_explain = no_order (sym is ∙ asked.0)
-by_name command (Batch table memory) name is asked no_show no_report no_export no_curve no_whatif no_order no_batch no_import no_explain = no_batch (sym is ∙ asked.0)
-by_name command (Import table) name is asked no_show no_report no_export no_curve no_whatif no_order no_batch no_import no_explain = no_import (sym is ∙ asked.0)
-by_name command (Explain format fault) name is asked no_show no_report no_export no_curve no_whatif no_order no_batch no_import no_explain = no_explain (sym is ∙ asked.0)
+    (name ≡ codes "show" → ⊥) → (name ≡ codes "report" → ⊥) → (name ≡ codes "export" → ⊥) → (name ≡ codes "curve" → ⊥) → (name ≡ codes "soonest" → ⊥) → (name ≡ codes "whatif" → ⊥) → (name ≡ codes "order" → ⊥) → (name ≡ codes "batch" → ⊥) → (name ≡ codes "import" → ⊥) → (name ≡ codes "explain" → ⊥) → ⊥
+by_name command (Show files look) name is asked no_show no_report no_export no_curve no_soonest no_whatif no_order no_batch no_import no_explain = no_show (sym is ∙ asked.0)
+by_name command (Report files options) name is asked no_show no_report no_export no_curve no_soonest no_whatif no_order no_batch no_import no_explain = no_report (sym is ∙ asked.0)
+by_name command (Export files options) name is asked no_show no_report no_export no_curve no_soonest no_whatif no_order no_batch no_import no_explain = no_export (sym is ∙ asked.0)
+by_name command (Curve files memory workers is_drawn) name is asked no_show no_report no_export no_curve no_soonest no_whatif no_order no_batch no_import no_explain = no_curve (sym is ∙ asked.0)
+by_name command (Soonest files memory workers) name is asked no_show no_report no_export no_curve no_soonest no_whatif no_order no_batch no_import no_explain = no_soonest (sym is ∙ asked.0)
+by_name command (WhatIf files options memory workers) name is asked no_show no_report no_export no_curve no_soonest no_whatif no_order no_batch no_import no_explain = no_whatif (sym is ∙ asked.0)
+by_name command (Order files terms) name is asked no_show no_report no_export no_curve no_soonest no_whatif no_order no_batch no_import no_explain = no_order (sym is ∙ asked.0)
+by_name command (Batch table memory) name is asked no_show no_report no_export no_curve no_soonest no_whatif no_order no_batch no_import no_explain = no_batch (sym is ∙ asked.0)
+by_name command (Import table) name is asked no_show no_report no_export no_curve no_soonest no_whatif no_order no_batch no_import no_explain = no_import (sym is ∙ asked.0)
+by_name command (Explain format fault) name is asked no_show no_report no_export no_curve no_soonest no_whatif no_order no_batch no_import no_explain = no_explain (sym is ∙ asked.0)
 
 -- a text has another letter at its first or second place
 first_differs : (s t : Text) → s ≡ t → slice_index s 0 ≡ slice_index t 0
@@ -84,6 +85,7 @@ no_tool_cpm command tool is asked = by_name command tool (codes "cpm") is asked
     (λ e. let letter : 99 ≡ 114 = first_differs (codes "cpm") (codes "report") e in omega (arith, letter))
     (λ e. let letter : 99 ≡ 101 = first_differs (codes "cpm") (codes "export") e in omega (arith, letter))
     (λ e. let letter : 112 ≡ 117 = second_differs (codes "cpm") (codes "curve") e in omega (arith, letter))
+    (λ e. let letter : 99 ≡ 115 = first_differs (codes "cpm") (codes "soonest") e in omega (arith, letter))
     (λ e. let letter : 99 ≡ 119 = first_differs (codes "cpm") (codes "whatif") e in omega (arith, letter))
     (λ e. let letter : 99 ≡ 111 = first_differs (codes "cpm") (codes "order") e in omega (arith, letter))
     (λ e. let letter : 99 ≡ 98 = first_differs (codes "cpm") (codes "batch") e in omega (arith, letter))
@@ -96,6 +98,7 @@ no_tool_plan command tool is asked = by_name command tool (codes "plan") is aske
     (λ e. let letter : 112 ≡ 114 = first_differs (codes "plan") (codes "report") e in omega (arith, letter))
     (λ e. let letter : 112 ≡ 101 = first_differs (codes "plan") (codes "export") e in omega (arith, letter))
     (λ e. let letter : 112 ≡ 99 = first_differs (codes "plan") (codes "curve") e in omega (arith, letter))
+    (λ e. let letter : 112 ≡ 115 = first_differs (codes "plan") (codes "soonest") e in omega (arith, letter))
     (λ e. let letter : 112 ≡ 119 = first_differs (codes "plan") (codes "whatif") e in omega (arith, letter))
     (λ e. let letter : 112 ≡ 111 = first_differs (codes "plan") (codes "order") e in omega (arith, letter))
     (λ e. let letter : 112 ≡ 98 = first_differs (codes "plan") (codes "batch") e in omega (arith, letter))
@@ -108,6 +111,7 @@ no_tool_prove command tool is asked = by_name command tool (codes "prove") is as
     (λ e. let letter : 112 ≡ 114 = first_differs (codes "prove") (codes "report") e in omega (arith, letter))
     (λ e. let letter : 112 ≡ 101 = first_differs (codes "prove") (codes "export") e in omega (arith, letter))
     (λ e. let letter : 112 ≡ 99 = first_differs (codes "prove") (codes "curve") e in omega (arith, letter))
+    (λ e. let letter : 112 ≡ 115 = first_differs (codes "prove") (codes "soonest") e in omega (arith, letter))
     (λ e. let letter : 112 ≡ 119 = first_differs (codes "prove") (codes "whatif") e in omega (arith, letter))
     (λ e. let letter : 112 ≡ 111 = first_differs (codes "prove") (codes "order") e in omega (arith, letter))
     (λ e. let letter : 112 ≡ 98 = first_differs (codes "prove") (codes "batch") e in omega (arith, letter))
@@ -120,6 +124,7 @@ no_tool_check command tool is asked = by_name command tool (codes "check") is as
     (λ e. let letter : 99 ≡ 114 = first_differs (codes "check") (codes "report") e in omega (arith, letter))
     (λ e. let letter : 99 ≡ 101 = first_differs (codes "check") (codes "export") e in omega (arith, letter))
     (λ e. let letter : 104 ≡ 117 = second_differs (codes "check") (codes "curve") e in omega (arith, letter))
+    (λ e. let letter : 99 ≡ 115 = first_differs (codes "check") (codes "soonest") e in omega (arith, letter))
     (λ e. let letter : 99 ≡ 119 = first_differs (codes "check") (codes "whatif") e in omega (arith, letter))
     (λ e. let letter : 99 ≡ 111 = first_differs (codes "check") (codes "order") e in omega (arith, letter))
     (λ e. let letter : 99 ≡ 98 = first_differs (codes "check") (codes "batch") e in omega (arith, letter))
@@ -132,6 +137,7 @@ no_tool_verify command tool is asked = by_name command tool (codes "verify") is 
     (λ e. let letter : 118 ≡ 114 = first_differs (codes "verify") (codes "report") e in omega (arith, letter))
     (λ e. let letter : 118 ≡ 101 = first_differs (codes "verify") (codes "export") e in omega (arith, letter))
     (λ e. let letter : 118 ≡ 99 = first_differs (codes "verify") (codes "curve") e in omega (arith, letter))
+    (λ e. let letter : 118 ≡ 115 = first_differs (codes "verify") (codes "soonest") e in omega (arith, letter))
     (λ e. let letter : 118 ≡ 119 = first_differs (codes "verify") (codes "whatif") e in omega (arith, letter))
     (λ e. let letter : 118 ≡ 111 = first_differs (codes "verify") (codes "order") e in omega (arith, letter))
     (λ e. let letter : 118 ≡ 98 = first_differs (codes "verify") (codes "batch") e in omega (arith, letter))

@@ -5,7 +5,7 @@ use Rattle.clap.specs.Words.{App, IsUnsignedIn, Row, Text, first_of, new_app, ne
 use Rattle.clap.specs.Words.{with_subcommand}
 use Rattle.racp_words.specs.Rules.{AreBoundFiles, AreOrderFiles, ArePlanFiles, AreProofFiles, IsCrew, IsNumberOf, answering, flag_rule, is_set, number_rule, of_order, of_plan, of_workers, telling, text_rule}
 use Rattle.racp_words.specs.Batches.{batch}
-use Rattle.racp_words.specs.Tools.{IsNoTool, IsToolOf, curve, explain, export, import_table, report, show, order as order_app, whatif}
+use Rattle.racp_words.specs.Tools.{IsNoTool, IsToolOf, curve, explain, export, import_table, report, show, soonest, order as order_app, whatif}
 use Rattle.racp_words.specs.declared.request.CrewOptions.{CrewOptions}
 use Rattle.racp_words.specs.declared.request.Request.{Request}
 use Rattle.racp_words.specs.declared.request.Request.TheVariants.{Cpm, Plan, Prove, Check, Verify, VerifyBound, Tool}
@@ -68,9 +68,9 @@ abbrev pub racp_charting : App
 racp_charting =
     with_subcommand (with_subcommand (with_subcommand (with_subcommand racp_checking show.top) report.top) export.top) curve.top
 
--- `racp [.. | whatif NET ORDER [PLAN] [OPTIONS] | order NET OPTIONS]`
+-- `racp [.. | soonest NET ORDER [OPTIONS] | whatif NET ORDER [PLAN] [OPTIONS] | order NET OPTIONS]`
 abbrev pub racp_asking : App
-racp_asking = with_subcommand (with_subcommand racp_charting whatif.top) order_app.top
+racp_asking = with_subcommand (with_subcommand (with_subcommand racp_charting soonest.top) whatif.top) order_app.top
 
 -- `racp [.. | batch NET.. OPTIONS | import FILE OPTIONS | explain [FORMAT] [FAULT]]`
 unfoldable pub racp : App

@@ -1,4 +1,4 @@
--- What the commands `show`, `report`, `export`, `curve`, `whatif`, `order`, `batch`, `import` and `explain` ask for.
+-- What the commands `show`, `report`, `export`, `curve`, `soonest`, `whatif`, `order`, `batch`, `import` and `explain` ask for.
 use Rattle.std.specs.Prelude.{◌≡◌, ◌≢◌, ◌&&◌, ◌||◌, Bool, ℕ, List, Option, None, codes, false, map, option_map, true, Some}
 use Rattle.clap.specs.Words.{App, IsUnsignedIn, Row, Text, first_of, new_app, new_rule, with_rule}
 use Rattle.racp_words.specs.Rules.{AreOrderFiles, ArePlanFiles, IsCrew, IsNumberOf, answering, by_workers, file_rule, flag_rule, is_set, lettered, number_in, number_rule, of_order, of_plan, of_workers, path_at, telling, text_rule}
@@ -12,7 +12,7 @@ use Rattle.racp_words.specs.declared.request.NamedNet.{NamedNet}
 use Rattle.racp_words.specs.declared.table_requests.TableWords.{TableWords}
 use Rattle.racp_words.specs.declared.request.Terms.{Terms}
 use Rattle.racp_words.specs.declared.request.Tool.{Tool}
-use Rattle.racp_words.specs.declared.request.Tool.TheVariants.{Show, Report, Export, Curve, WhatIf, Order, Batch, Import, Explain}
+use Rattle.racp_words.specs.declared.request.Tool.TheVariants.{Show, Report, Export, Curve, Soonest, WhatIf, Order, Batch, Import, Explain}
 
 -- `show NET ORDER PLAN [--names FILE] [--width N]`
 abbrev pub show_named : App
@@ -66,6 +66,11 @@ curve_kept = with_rule (with_rule curve_timed (flag_rule (codes "progress"))) (t
 -- [--calendar FILE] [--json] [--explain] [--quiet]`
 abbrev pub curve : App
 curve = answering (with_rule (with_rule curve_kept (flag_rule (codes "svg"))) (text_rule (codes "calendar")))
+
+-- `soonest NET ORDER [-j N | --workers N] [--turns N] [--memory MIB] [--time-limit S] [--json] [--explain] [--quiet]`
+abbrev pub soonest : App
+soonest = answering (with_rule (with_rule (of_workers (codes "soonest")) (number_rule (codes "memory") 1048576))
+    (text_rule (codes "time-limit")))
 
 -- `whatif NET ORDER [PLAN] [--names FILE]`
 abbrev pub whatif_named : App
@@ -227,6 +232,9 @@ IsToolOf command (Curve files memory crew is_drawn) =
     (command.0 ≡ codes "curve") × AreOrderFiles command.1 files ×
     IsNumberOf 1048576 1024 (first_of (codes "memory") command.1) memory.mebibytes ×
     IsCrew command.1 crew × (is_drawn ≡ is_set (codes "svg") command.1)
+IsToolOf command (Soonest files memory crew) =
+    (command.0 ≡ codes "soonest") × AreOrderFiles command.1 files ×
+    IsNumberOf 1048576 1024 (first_of (codes "memory") command.1) memory.mebibytes × IsCrew command.1 crew
 IsToolOf command (WhatIf files options memory crew) =
     (command.0 ≡ codes "whatif") × AreOrderFiles command.1 files ×
     (option_map (λ word. word.now) options.plan ≡ first_of (codes "PLAN") command.1) ×
@@ -248,6 +256,7 @@ pub record IsNoTool (name : Text) : Type 0 where
   pub no_report : name ≢ codes "report"
   pub no_export : name ≢ codes "export"
   pub no_curve : name ≢ codes "curve"
+  pub no_soonest : name ≢ codes "soonest"
   pub no_whatif : name ≢ codes "whatif"
   pub no_order : name ≢ codes "order"
   pub no_batch : name ≢ codes "batch"

@@ -187,6 +187,8 @@ fn tool_named<'a>(name: &str, words: &ArgMatches<'a>) -> Option<Tool<'a>>
         let files = order_files(words);
         let crew = crew_of(words);
         Some(Tool::Curve(files, memory_of(words), crew, is_set(words, "svg")))
+    } else if name == "soonest" {
+        Some(Tool::Soonest(order_files(words), memory_of(words), crew_of(words)))
     } else if name == "whatif" {
         let options = WhatIfWords {
             plan: text_of(words, "PLAN"),

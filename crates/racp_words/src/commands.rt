@@ -30,6 +30,7 @@ Examples:
   racp report net.sm order.toml net.plan > plan.html
   racp export net.sm order.toml net.plan --to ics --calendar work.toml > plan.ics
   racp curve net.sm order.toml             what each deadline costs
+  racp soonest net.sm team.toml            how soon, with the units that there are
   racp whatif net.sm order.toml            what one unit fewer or more changes
   racp batch *.sm --factors 1.0,1.2        a table of what each network costs
   racp check net.sm order.toml net.plan    whether a plan is right

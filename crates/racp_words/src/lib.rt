@@ -36,14 +36,14 @@
 //! asks for a crew: 1 worker, 1,000,000,000,000 turns, no limit of time, nothing told and no file of the best plan, unless
 //! the others say otherwise. With `--workers 0` there are to be as many workers as there are processors, which the
 //! program counts. `--memory MIB` says how much memory the records of a search take at most, with or without a crew.
-//! `curve` takes all of these but `--stats`, `whatif` none of `--stats`, `--progress` and `--best`, `verify` takes
+//! `curve` takes all of these but `--stats`, `soonest` and `whatif` none of `--stats`, `--progress` and `--best`, `verify` takes
 //! `--time-limit`. A limit of time is a word here; the program reads it.
 //!
 //! What is asked for is a `Task`: a request; how much is told of what is wrong, which the flags `--quiet` and `--explain`
 //! of each command that reads a file say; and whether the answer is written as JSON, which the flag `--json` says.
 //!
 //! The commands stand in `specs/` a second time, as values of the library's definitions: `racp`, `cpm`, `plan`,
-//! `of_order`, `of_plan`, `check`, `verify`, `show`, `report`, `export`, `curve`, `whatif`, `order`, `batch`, `import_table` and `explain`. What `clap` is proved to do with
+//! `of_order`, `of_plan`, `check`, `verify`, `show`, `report`, `export`, `curve`, `soonest`, `whatif`, `order`, `batch`, `import_table` and `explain`. What `clap` is proved to do with
 //! them says what any words ask for.
 //!
 //! Proved: without words, with `cpm`, and with `cpm` and a word that does not begin with a hyphen or is a hyphen alone,
@@ -54,7 +54,7 @@
 //! cases only memory can fail. A path here is a word that is not empty and does not begin with a hyphen. For any other
 //! words `asked` answers what `clap` is proved to find, or refuses with the kind of error that it is proved to give:
 //! `plan` asks for a crew exactly if `clap` finds one of the six options, and a number that it finds and that is in
-//! range is that of the crew or of the memory; `show`, `report`, `export`, `curve`, `whatif`, `order`, `batch`, `import` and `explain` ask for what their
+//! range is that of the crew or of the memory; `show`, `report`, `export`, `curve`, `soonest`, `whatif`, `order`, `batch`, `import` and `explain` ask for what their
 //! words and flags say (`IsToolOf`); nothing is told of faults exactly if it finds `--quiet`, and else all exactly if it
 //! finds `--explain`; JSON is asked for exactly if it finds `--json`. No crew has more than 64
 //! workers or 1,000,000,000,000 turns, and no more than 1,048,576 MiB are asked for. Tested alone, over the built

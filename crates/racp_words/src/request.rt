@@ -61,6 +61,8 @@ pub enum Tool<'a> {
     /// What each deadline up to that of an order costs, with so much memory for records: on one thread, or by workers
     /// if an option is given; as a picture if that is said.
     Curve(OrderFiles<'a>, Memory, Option<CrewOptions<'a>>, bool),
+    /// The plan of an order with the least deadline that has one, with so much memory for records: by one worker, or by others.
+    Soonest(OrderFiles<'a>, Memory, Option<CrewOptions<'a>>),
     /// What becomes of an order if one term is changed, with so much memory for records: by one worker, or by others if an
     /// option is given.
     WhatIf(OrderFiles<'a>, WhatIfWords<'a>, Memory, Option<CrewOptions<'a>>),

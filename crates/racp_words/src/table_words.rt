@@ -63,7 +63,7 @@ pub(crate) const CEILING: Word<'static> = Word::Text(
 pub(crate) const IMPORT: &[Word] = &[
     Word::Files(
         "FILE",
-        "The table: rows and cells, CSV, or Patterson's format, .rcp; several are joined, and resources of one name are one",
+        "The table: rows and cells, CSV, or XML of planners, or Patterson's format, .rcp; several are joined, and resources of one name are one",
     ),
     Word::Needed(
         "out",
@@ -73,7 +73,7 @@ pub(crate) const IMPORT: &[Word] = &[
     Word::Text(
         "from",
         "FORMAT",
-        "The format of each table, csv or rcp; else its first line tells",
+        "The format of each table, csv, rcp or mspdi; else its first line tells",
     ),
     Word::Text(
         "prices",

@@ -89,12 +89,12 @@ pub(crate) const TOOLS: &[Line] = &[
     },
     Line {
         name: "export",
-        about: "Writes a plan that is right for other programs: calendars, spreadsheets, Markdown",
+        about: "Writes a plan that is right for other programs: planners, calendars, spreadsheets",
         words: &[
             NET,
             ORDER,
             PLAN,
-            Word::Needed("to", "FORMAT", "ics, csv or md"),
+            Word::Needed("to", "FORMAT", "ics, csv, md, mspdi or tjp"),
             Word::Needed(
                 "calendar",
                 "FILE",
@@ -133,6 +133,14 @@ pub(crate) const TOOLS: &[Line] = &[
             QUIET,
         ],
         example: "Example: racp curve net.sm order.toml > net.curve",
+    },
+    Line {
+        name: "soonest",
+        about: "Plans the project so that it ends as soon as the units that there are admit",
+        words: &[
+            NET, ORDER, CREW, TURNS, MEMORY, TIME_LIMIT, JSON, EXPLAIN, QUIET,
+        ],
+        example: "Example: racp soonest net.sm team.toml > net.plan",
     },
     Line {
         name: "whatif",

@@ -1,0 +1,5 @@
+mod Deadlines
+mod Reasons
+mod Spans
+mod OneSoonest
+mod TextLines

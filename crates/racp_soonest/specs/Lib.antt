@@ -1,0 +1,5 @@
+pub mod Teams
+pub mod Soonest
+pub mod Steps
+pub mod Laws
+pub mod Texts
