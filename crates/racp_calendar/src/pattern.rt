@@ -90,6 +90,13 @@ impl Pattern {
         false
     }
 
+    /// The days that are free though their day of the week is worked on.
+    pub(crate) fn free(&self) -> &[u32]
+        ensures { result.now ≡ self.now.free.items }
+    {
+        self.free.as_slice()
+    }
+
     /// Whether a day is worked on.
     pub(crate) fn works(&self, day: u64) -> bool
         ensures { result ≡ is_worked self.now.week self.now.free.items day }
@@ -110,7 +117,7 @@ impl Pattern {
     }
 
     /// Whether the day of the week of this day is worked on.
-    fn is_weekly(&self, day: u64) -> bool
+    pub(crate) fn is_weekly(&self, day: u64) -> bool
         ensures { result ≡ is_weekly self.now.week day }
     {
         is_weekly(&self.week, day)

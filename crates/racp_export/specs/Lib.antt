@@ -3,4 +3,9 @@ pub mod Days
 pub mod Words
 pub mod Events
 pub mod Tables
+pub mod Told
+pub mod Work
+pub mod MsProject
+pub mod Bookings
+pub mod TaskJuggler
 pub mod Exports

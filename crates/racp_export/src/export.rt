@@ -5,13 +5,16 @@ ghost use Rattle.racp_model.specs.Plan.{FitsTerms};
 ghost use Rattle.racp_model.specs.Terms.{AreTermsOf};
 ghost use Rattle.racp_show.specs.Entries.{outlined};
 ghost use Rattle.racp_show.specs.Outlines.{IsOutlineOf};
-ghost use Rattle.racp_export.specs.Exports.{IsExport, format_text};
+ghost use Rattle.racp_export.specs.Exports.{IsExport, IsIn};
+ghost use Rattle.racp_export.specs.Told.{told_by};
 
 use crate::events::events_text;
 use crate::format::Format;
 use crate::ground::Ground;
 use crate::markdown::markdown_text;
+use crate::ms_project::project_text;
 use crate::table::csv_text;
+use crate::task_juggler::juggler_text;
 use racp_calendar::Calendar;
 use racp_model::Network;
 use racp_plan::Plan;
@@ -56,6 +59,9 @@ pub fn export_text(
         net,
         names: export.names,
         calendar: export.calendar,
+        starts: plan.starts.as_slice(),
+        capacities: plan.capacities.as_slice(),
+        deadline: order.deadline,
     };
     text_in(alloc, export.format, &ground, rows.as_slice())
 }
@@ -67,7 +73,7 @@ fn text_in(
     ground: &Ground<'_>,
     rows: &[Row<'_>],
 ) -> Result<Vec<u8>, AllocError>
-    ensures { IfOk result (λ text. text.items ≡ format_text format ground.now.calendar ground.now.net.now ground.now.names.now rows.now) }
+    ensures { IfOk result (λ text. IsIn format (told_by ground.now) rows.now text.items) }
 {
     match format {
         Format::Csv => csv_text(alloc, ground, rows),
@@ -77,6 +83,14 @@ fn text_in(
         }
         Format::Markdown => {
             let text = markdown_text(alloc, ground, rows)?;
+            Ok(text.into_bytes())
+        }
+        Format::MsProject => {
+            let text = project_text(alloc, ground, rows)?;
+            Ok(text.into_bytes())
+        }
+        Format::TaskJuggler => {
+            let text = juggler_text(alloc, ground, rows)?;
             Ok(text.into_bytes())
         }
     }

@@ -9,4 +9,8 @@ pub enum Format {
     Csv,
     /// A table in Markdown.
     Markdown,
+    /// A project of MS Project, in XML.
+    MsProject,
+    /// A project of TaskJuggler.
+    TaskJuggler,
 }

@@ -1,7 +1,7 @@
 //! How the letters of names are written.
 
 ghost use Rattle.std.specs.Prelude.{◌≡◌, ◌++◌, IfOk, OnOk, string_bytes};
-ghost use Rattle.racp_export.specs.Letters.{is_event_mark, is_link_mark, is_markdown_mark, is_span_mark, letter_text, marked, spelled, unless};
+ghost use Rattle.racp_export.specs.Letters.{is_event_mark, is_juggler_mark, is_link_mark, is_markdown_mark, is_span_mark, juggled, letter_text, marked, spelled, unless};
 
 use std::alloc::{AllocError, Global};
 
@@ -14,6 +14,8 @@ pub(crate) enum Letters {
     Markdown,
     /// Without hyphens, as in a date of iCalendar.
     Digits,
+    /// As in a text of TaskJuggler.
+    TaskJuggler,
 }
 
 /// A text, written with these letters.
@@ -39,6 +41,7 @@ fn push_letter(text: &mut String, letters: Letters, letter: char) -> Result<(), 
         Letters::Events => push_marked(text, is_event_mark(letter), letter),
         Letters::Markdown => push_marked(text, is_markdown_mark(letter), letter),
         Letters::Digits => push_unless(text, letter == '-', letter),
+        Letters::TaskJuggler => push_juggled(text, letter),
     }
 }
 
@@ -64,6 +67,26 @@ fn push_unless(text: &mut String, is_left_out: bool, letter: char) -> Result<(),
     } else {
         text.push(letter)
     }
+}
+
+/// Adds what stands for a letter in a text of TaskJuggler.
+fn push_juggled(text: &mut String, letter: char) -> Result<(), AllocError>
+    ensures { OnOk result (string_bytes text.new ≡ string_bytes text.old ++ juggled letter) }
+{
+    if is_juggler_mark(letter) {
+        text.push(letter)?;
+        text.push(' ')?;
+        Ok(())
+    } else {
+        push_marked(text, letter == '"', letter)
+    }
+}
+
+/// Whether a letter may mean something else than itself before others in a text of TaskJuggler.
+fn is_juggler_mark(letter: char) -> bool
+    ensures { result ≡ is_juggler_mark letter }
+{
+    letter == '\\' || letter == '$'
 }
 
 /// Whether a letter means something else than itself in a text of iCalendar.

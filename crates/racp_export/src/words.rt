@@ -2,12 +2,13 @@
 
 ghost use Rattle.std.specs.Prelude.{◌≡◌, ◌++◌, ◌<◌, IfOk, OnOk, codes, decimal, option_map, string_bytes};
 ghost use Rattle.racp_charts.specs.Elements.{predecessor_list};
+ghost use Rattle.racp_charts.specs.Texts.{escaped};
 ghost use Rattle.racp_model.specs.Project.{place, request};
 ghost use Rattle.racp_export.specs.Letters.{spelled};
 ghost use Rattle.racp_export.specs.Words.{called, need_text, needs_before, needs_text, resource_title, task_title, with_need};
 
 use crate::letters::{Letters, spelled};
-use racp_charts::push_predecessors;
+use racp_charts::{push_escaped, push_predecessors};
 use racp_model::Network;
 use racp_show::{Names, Task};
 use std::alloc::{AllocError, Global};
@@ -146,4 +147,13 @@ pub(crate) fn waits_of(alloc: Global, task: &Task<'_>) -> Result<String, AllocEr
     let mut waits = String::new(alloc);
     push_predecessors(&mut waits, task.predecessors.as_slice())?;
     Ok(waits)
+}
+
+/// A text as XML writes it.
+pub(crate) fn escaped(alloc: Global, plain: &str) -> Result<String, AllocError>
+    ensures { IfOk result (λ text. string_bytes text ≡ escaped plain.now) }
+{
+    let mut text = String::new(alloc);
+    push_escaped(&mut text, plain)?;
+    Ok(text)
 }

@@ -1,0 +1,7 @@
+use Rattle.std.proofs.Common.{◌≡◌, ◌++◌, string_bytes}
+use Rattle.racp_export.specs.MsProject.{needs_before}
+use Rattle.racp_export.specs.Told.{told_by}
+use Rattle.racp_export.proofs.ms_needs.push_needs.Given as goal
+
+abbrev pub invariant-loop-k : goal.invariant-loop-k
+invariant-loop-k l = string_bytes l.text ≡ string_bytes l.initial.text ++ needs_before (told_by l.ground) l.task l.k

@@ -1,0 +1,7 @@
+use Rattle.std.proofs.Common.{◌≡◌, ◌++◌, flat_map, string_bytes, drop}
+use Rattle.racp_calendar.specs.Told.{free_days}
+use Rattle.racp_export.specs.MsProject.{free_line}
+use Rattle.racp_export.proofs.ms_week.push_free_days.Given as goal
+
+abbrev pub invariant-loop-day : goal.invariant-loop-day
+invariant-loop-day l = string_bytes l.text ++ flat_map (free_line l.calendar) (drop l.day-index (free_days l.calendar)) ≡ string_bytes l.initial.text ++ flat_map (free_line l.calendar) (free_days l.calendar)
