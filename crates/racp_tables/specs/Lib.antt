@@ -15,3 +15,4 @@ pub mod TablesRead
 pub mod Called
 pub mod LinkWords
 pub mod CellTies
+pub mod Planned

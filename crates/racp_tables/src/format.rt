@@ -2,6 +2,7 @@
 
 use crate::csv_rows::read_rows;
 use crate::fault::TableFault;
+use crate::mspdi::read_mspdi;
 use crate::patterson::read_numbers;
 use crate::reading::Reading;
 use crate::table::Table;
@@ -15,10 +16,12 @@ pub enum Format {
     Csv,
     /// Numbers alone: Patterson's format.
     Rcp,
+    /// XML of MS Project: MSPDI.
+    Mspdi,
 }
 
 /// The table of a text, which is read so. If no kind is given, a text whose first line with words has numbers alone between
-/// blanks is in Patterson's format.
+/// blanks is in Patterson's format, and one whose first line with words begins as XML does is in MSPDI.
 ///
 /// # Errors
 ///
@@ -38,6 +41,7 @@ pub fn read_table(alloc: Global, bytes: &[u8], reading: &Reading<'_>) -> Result<
     match reading.format.unwrap_or(format_of(text)) {
         Format::Csv => read_rows(alloc, text, reading),
         Format::Rcp => read_numbers(alloc, text),
+        Format::Mspdi => read_mspdi(alloc, text, reading),
     }
 }
 
@@ -82,10 +86,18 @@ fn format_of(text: &str) -> Format {
 
 /// Which kind of text begins with this line.
 fn format_of_line(line: &str) -> Format {
+    if is_xml(line.trim_start()) {
+        return Format::Mspdi;
+    }
     for word in line.split_whitespace() {
         if number(word.as_bytes()).is_none() {
             return Format::Csv;
         }
     }
     Format::Rcp
+}
+
+/// Whether a line begins as those of XML do.
+fn is_xml(line: &str) -> bool {
+    line.starts_with("<?") || line.starts_with("<!") || line.starts_with("<Project")
 }

@@ -1,4 +1,4 @@
-//! Tables of tasks, as spreadsheets, planners and Patterson's format have them: read, and made networks.
+//! Tables of tasks, as spreadsheets, planners, their XML and Patterson's format have them: read, and made networks.
 //!
 //! A table says of each task its name, how long it takes, after which tasks it comes, and how many units of each
 //! resource it needs. Tasks are jobs, numbered from 1 in the order of the table. A row of which others are parts, by levels or by
@@ -23,15 +23,19 @@
 //! network text is guessed and then tested: it is read by `read_sm` of racp_sm, and given out only if that finds the network of the
 //! table. A `mark` tells later whether a file was changed.
 //!
+//! MSPDI, the XML of MS Project, takes another way to rows and ties: `mspdi` has the tasks, links and needs of the marks that racp_xml finds,
+//! and `mspdi_table` makes the table of them.
+//!
 //! Proved: a table of rows and cells has exactly the jobs and pairs of those of its rows that are no phases, by their durations, their
 //! requests and the tasks that their cells name, and of the jobs that wait for links with lags (`IsTableRead`, of `read_rows`). Rows are
 //! parts of each other as their levels or ids say (`AreParts`), and each is what its cells say: its name, id, duration, needs, earliest
 //! and due time (`IsRowOf`), and the tasks that its cells name (`AreTiesOf`). Its cells are those that `csv` reads of a sheet. A table
-//! that several are joined to has exactly their resources, jobs and pairs (`IsJoined`). What `network_text` gives out is read as a
+//! that several are joined to has exactly their resources, jobs and pairs (`IsJoined`). A table of MSPDI has
+//! exactly the jobs and pairs of its tasks by their levels, durations, requests and ties (`IsTableOfTasks`). What `network_text` gives out is read as a
 //! network of exactly the jobs and pairs of the table, and with as many resources; or the table breaks a limit, a pair names no
 //! task, or tasks wait for each other, as `Network::new` tells; or memory ran out. With a mark it is read as the same network.
 //! `names_text` has exactly the lines of headings and names. Reading returns, and fails for a reason that it tells. Tested alone: the
-//! sheet that is made of a text, which column is which by its title, the levels in a column, headings, Patterson's format, when a
+//! sheet that is made of a text, which column is which by its title, the levels in a column, headings, Patterson's format, which tasks MSPDI has, when a
 //! table is refused, and what is told of it.
 #![tactic(auto)]
 
@@ -61,6 +65,13 @@ mod made;
 mod mark;
 mod mention;
 mod moved;
+mod mspdi;
+mod mspdi_date;
+mod mspdi_link;
+mod mspdi_need;
+mod mspdi_table;
+mod mspdi_task;
+mod mspdi_time;
 mod named;
 mod names;
 mod needs;

@@ -73,7 +73,12 @@ fn test_parents(
 }
 
 /// Tests that there is a task, and how many resources there are.
-fn test_counts(alloc: Global, line: u64, resources: usize, tasks: usize) -> Result<(), TableFault> {
+pub(crate) fn test_counts(
+    alloc: Global,
+    line: u64,
+    resources: usize,
+    tasks: usize,
+) -> Result<(), TableFault> {
     if tasks == 0 {
         let words = String::from_str(alloc, "the table has no task");
         return Err(TableFault::at(0, words));
@@ -99,13 +104,25 @@ fn tested_ties(
     ensures { IfOk result (λ ties. AreTiesOf rows.now scale ties.items) }
 {
     let ties = ties_of(alloc, rows, scale, warnings)?;
-    let links = links_of(alloc, &ties)?;
+    test_ties(alloc, rows, &ties, parents, warnings)?;
+    Ok(ties)
+}
+
+/// Tests that links can tie rows so, and that no task waits for itself. Adds warnings of what looks wrong.
+pub(crate) fn test_ties(
+    alloc: Global,
+    rows: &[Row],
+    ties: &[Ties],
+    parents: &[u32],
+    warnings: &mut Vec<Warning>,
+) -> Result<(), TableFault> {
+    let links = links_of(alloc, ties)?;
     match leaf_links(alloc, parents, &links) {
         Ok(links) => test_rings(alloc, rows, &pairs_of(alloc, &links)?)?,
         Err(fault) => {
             let linked = Linked {
                 rows,
-                ties: &ties,
+                ties,
                 parents,
             };
             return Err(made_fault(alloc, linked, MadeFault::Phase(fault)));
@@ -113,7 +130,7 @@ fn tested_ties(
     }
     warn_of_rows(alloc, rows, parents, warnings)?;
     warn_of_links(alloc, parents, &links, warnings)?;
-    Ok(ties)
+    Ok(())
 }
 
 /// The pairs of the tasks that links tie.
@@ -140,7 +157,7 @@ fn warn_of_links(
 }
 
 /// What rows make that are parts of each other so and have these ties, if a network may have so many jobs.
-fn made_tested(
+pub(crate) fn made_tested(
     alloc: Global,
     rows: &[Row],
     ties: &[Ties],
